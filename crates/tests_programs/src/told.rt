@@ -22,6 +22,10 @@ const ONE_LENGTH: &str =
 const NO_LENGTH_ONE_NAME: &str =
     r#"{"chunk_grid":{"configuration":{"chunk_shape":[10,0]},"name":"regular"},"chunk_key_encoding":"default","codecs":["bytes"],"data_type":"float32","dimension_names":["x"],"fill_value":0,"node_type":"array","shape":[10,10],"zarr_format":3}"#;
 
+// An array without codecs, whose data type does not have its fill value.
+const NO_VALUE: &str =
+    r#"{"chunk_grid":{"configuration":{"chunk_shape":[10]},"name":"regular"},"chunk_key_encoding":"default","codecs":[],"data_type":"uint8","fill_value":256,"node_type":"array","shape":[10],"zarr_format":3}"#;
+
 // Groups that no reader opens.
 const DEMANDING: &str =
     r#"{"consolidated_metadata":{"kind":"inline","metadata":{}},"extra":{},"node_type":"group","zarr_format":3}"#;
@@ -52,8 +56,8 @@ fn assert_told<R: Abort + AllocGlobal>(rt: &R, rows: &[Told<'_>]) {
     }
 }
 
-// Arrays whose dimensions do not fit, and one whose do.
-const DIMENSIONS: &[Told] = &[
+// Arrays of which something does not fit, and one of which all does.
+const MEMBERS: &[Told] = &[
     Told {
         word: CHECK,
         documents: &[("zarr.json", ONE_LENGTH), ("a/zarr.json", "x")],
@@ -94,11 +98,27 @@ const DIMENSIONS: &[Told] = &[
         errors: "zarrs: 2 nodes, 0 findings\n",
         status: 0,
     },
+    Told {
+        word: CHECK,
+        documents: &[("zarr.json", GROUP), ("a/zarr.json", NO_VALUE)],
+        path: "/a",
+        output: "/a: bad codecs: there is none, and one has to make bytes of a chunk\n/a: bad fill value: it is no value of uint8\n",
+        errors: "zarrs: 1 node, 2 findings\n",
+        status: 1,
+    },
+    Told {
+        word: NOTES_JSON,
+        documents: &[("zarr.json", GROUP), ("a/zarr.json", NO_VALUE)],
+        path: "/",
+        output: "[{\"block\":null,\"key\":null,\"kind\":\"bad-codecs\",\"path\":\"/a\",\"text\":\"bad codecs: there is none, and one has to make bytes of a chunk\"},{\"block\":null,\"key\":null,\"kind\":\"bad-fill-value\",\"path\":\"/a\",\"text\":\"bad fill value: it is no value of uint8\"}]\n",
+        errors: "zarrs: 2 nodes, 2 findings, 0 notes\n",
+        status: 1,
+    },
 ];
 
 #[test]
-fn dimensions_that_do_not_fit_are_told(rt: HostRuntime) {
-    assert_told(&rt, DIMENSIONS);
+fn members_that_do_not_fit_are_told(rt: HostRuntime) {
+    assert_told(&rt, MEMBERS);
 }
 
 // A group that no reader opens.

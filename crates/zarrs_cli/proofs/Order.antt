@@ -21,7 +21,7 @@ use Rattle.zarrs_store.proofs.Cuts.{parts-append, parts_one, prefix_text-cons, s
 use Rattle.zarrs_path.specs.Paths.{Path, path_cmp}
 use Rattle.zarrs_path.specs.PathOrder.{path_decides, path_ties, path_total}
 use Rattle.zarrs_cli.specs.declared.kind.RemarkKind.{RemarkKind}
-use Rattle.zarrs_cli.specs.declared.kind.RemarkKind.TheVariants.{BadDocument, BadName, NoNode, Orphaned, BadShape, NotOpened, BadBlock, BadKey, Shadowed, OwnKey, OwnAttributes, Differs, Unreachable, Stale, Unreached, Missing, Misplaced, Beside, Alike, LeftOver}
+use Rattle.zarrs_cli.specs.declared.kind.RemarkKind.TheVariants.{BadDocument, BadName, NoNode, Orphaned, BadShape, BadFillValue, BadCodecs, NotOpened, BadBlock, BadKey, Shadowed, OwnKey, OwnAttributes, Differs, Unreachable, Stale, Unreached, Missing, Misplaced, Beside, Alike, LeftOver}
 use Rattle.zarrs_cli.specs.declared.remark.Remark.{Remark}
 use Rattle.zarrs_cli.specs.Kinds.{kind_word}
 use Rattle.zarrs_cli.specs.Report.{is_asked, remark_cmp, RemarksAscend}
@@ -83,6 +83,8 @@ kind_named word =
     (cond (bytes_eq word (codes "no-node")) NoNode
     (cond (bytes_eq word (codes "orphaned")) Orphaned
     (cond (bytes_eq word (codes "bad-shape")) BadShape
+    (cond (bytes_eq word (codes "bad-fill-value")) BadFillValue
+    (cond (bytes_eq word (codes "bad-codecs")) BadCodecs
     (cond (bytes_eq word (codes "not-opened")) NotOpened
     (cond (bytes_eq word (codes "bad-block")) BadBlock
     (cond (bytes_eq word (codes "bad-key")) BadKey
@@ -93,7 +95,7 @@ kind_named word =
     (cond (bytes_eq word (codes "differs")) Differs
     (cond (bytes_eq word (codes "unreachable")) Unreachable
     (cond (bytes_eq word (codes "stale")) Stale
-    (cond (bytes_eq word (codes "missing")) Missing (cond (bytes_eq word (codes "misplaced")) Misplaced (cond (bytes_eq word (codes "beside")) Beside (cond (bytes_eq word (codes "alike")) Alike LeftOver))))))))))))))))))
+    (cond (bytes_eq word (codes "missing")) Missing (cond (bytes_eq word (codes "misplaced")) Misplaced (cond (bytes_eq word (codes "beside")) Beside (cond (bytes_eq word (codes "alike")) Alike LeftOver))))))))))))))))))))
 
 -- the word for a kind names it
 kind_named_back : (kind : RemarkKind) → kind_named (kind_word kind) ≡ kind
@@ -103,6 +105,8 @@ kind_named_back BadName = refl
 kind_named_back NoNode = refl
 kind_named_back Orphaned = refl
 kind_named_back BadShape = refl
+kind_named_back BadFillValue = refl
+kind_named_back BadCodecs = refl
 kind_named_back NotOpened = refl
 kind_named_back BadBlock = refl
 kind_named_back BadKey = refl

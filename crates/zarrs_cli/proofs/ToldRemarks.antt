@@ -225,6 +225,8 @@ held_not_above s b e h low = ⊎_elim
 -- the kind is of what the documents of a node tell
 abbrev IsTold : RemarkKind → Type 0
 IsTold remark.BadShape = Unit {0}
+IsTold remark.BadFillValue = Unit {0}
+IsTold remark.BadCodecs = Unit {0}
 IsTold remark.NotOpened = Unit {0}
 IsTold remark.Misplaced = Unit {0}
 IsTold remark.Beside = Unit {0}
@@ -237,6 +239,8 @@ told_is told.NoLengths = tt
 told_is (told.GridRank lengths shape) = tt
 told_is told.ZeroLength = tt
 told_is (told.NameCount names shape) = tt
+told_is (told.FillValue data_type) = tt
+told_is told.NoCodecs = tt
 told_is (told.UnknownField name) = tt
 told_is (told.DemandingBlock group) = tt
 told_is told.MisplacedBlock = tt
@@ -286,6 +290,8 @@ told_not_alike told.NoLengths h = h
 told_not_alike (told.GridRank lengths shape) h = h
 told_not_alike told.ZeroLength h = h
 told_not_alike (told.NameCount names shape) h = h
+told_not_alike (told.FillValue data_type) h = h
+told_not_alike told.NoCodecs h = h
 told_not_alike (told.UnknownField name) h = h
 told_not_alike (told.DemandingBlock group) h = h
 told_not_alike told.MisplacedBlock h = h

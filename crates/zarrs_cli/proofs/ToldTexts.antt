@@ -6,16 +6,16 @@ use Rattle.zarrs_notes.specs.FindingTexts.{node_finding_text}
 use Rattle.zarrs_notes.specs.NodeFindings.{place_of, field_of}
 use Rattle.zarrs_notes.specs.declared.file.NodeFile.TheVariants.{ZarrJson, Zarray, Zgroup, Zattrs, Zmetadata, NewZarrJson, NewZmetadata}
 use Rattle.zarrs_notes.specs.declared.finding.NodeFinding.{NodeFinding}
-use Rattle.zarrs_notes.specs.declared.finding.NodeFinding.TheVariants.{NoLengths, GridRank, ZeroLength, NameCount, UnknownField, DemandingBlock, MisplacedBlock, Beside, LeftOver}
+use Rattle.zarrs_notes.specs.declared.finding.NodeFinding.TheVariants.{NoLengths, GridRank, ZeroLength, NameCount, FillValue, NoCodecs, UnknownField, DemandingBlock, MisplacedBlock, Beside, LeftOver}
 
 -- the place of the document whose name a text begins with, and a blank behind it
 file_in : List ℕ → ℕ
 file_in t =
-    cond (bytes_eq (take 10 t) (codes "zarr.json ")) 5
-    (cond (bytes_eq (take 8 t) (codes ".zarray ")) 6
-    (cond (bytes_eq (take 8 t) (codes ".zgroup ")) 7
-    (cond (bytes_eq (take 8 t) (codes ".zattrs ")) 8
-    (cond (bytes_eq (take 11 t) (codes ".zmetadata ")) 9 (cond (bytes_eq (take 10 t) (codes "zarr.json.")) 10 11)))))
+    cond (bytes_eq (take 10 t) (codes "zarr.json ")) 7
+    (cond (bytes_eq (take 8 t) (codes ".zarray ")) 8
+    (cond (bytes_eq (take 8 t) (codes ".zgroup ")) 9
+    (cond (bytes_eq (take 8 t) (codes ".zattrs ")) 10
+    (cond (bytes_eq (take 11 t) (codes ".zmetadata ")) 11 (cond (bytes_eq (take 10 t) (codes "zarr.json.")) 12 13)))))
 
 -- the place that a text tells
 place_in : List ℕ → ℕ
@@ -24,8 +24,10 @@ place_in t =
     (cond (bytes_eq (take 15 t) (codes "bad shape: the ")) 0
     (cond (bytes_eq (take 15 t) (codes "bad shape: a ch")) 1
     (cond (bytes_eq (take 15 t) (codes "bad shape: ther")) 2
-    (cond (bytes_eq (take 10 t) (codes "not opened")) 3
-    (cond (bytes_eq (take 9 t) (codes "misplaced")) 4 (cond (bytes_eq (take 6 t) (codes "beside")) (file_in (drop 8 t)) (file_in (drop 11 t))))))))
+    (cond (bytes_eq (take 8 t) (codes "bad fill")) 3
+    (cond (bytes_eq (take 8 t) (codes "bad code")) 4
+    (cond (bytes_eq (take 10 t) (codes "not opened")) 5
+    (cond (bytes_eq (take 9 t) (codes "misplaced")) 6 (cond (bytes_eq (take 6 t) (codes "beside")) (file_in (drop 8 t)) (file_in (drop 11 t))))))))))
 
 -- is that of what has the text
 place_back : (f : NodeFinding) → place_in (node_finding_text f) ≡ place_of f
@@ -34,6 +36,8 @@ place_back NoLengths = refl
 place_back (GridRank lengths shape) = refl
 place_back ZeroLength = refl
 place_back (NameCount names shape) = refl
+place_back (FillValue data_type) = refl
+place_back NoCodecs = refl
 place_back (UnknownField name) = refl
 place_back (DemandingBlock group) = refl
 place_back MisplacedBlock = refl
@@ -63,6 +67,8 @@ field_back NoLengths = refl
 field_back (GridRank lengths shape) = refl
 field_back ZeroLength = refl
 field_back (NameCount names shape) = refl
+field_back (FillValue data_type) = refl
+field_back NoCodecs = refl
 field_back (UnknownField name) =
     let rest : List ℕ = codes " must be understood" in
     let more : length (name ++ rest) ≡ length name + 19 = length-append name rest in

@@ -17,7 +17,8 @@ use Rattle.zarrs_check.specs.declared.finding.FindingKind.{FindingKind}
 use Rattle.zarrs_check.specs.declared.finding.FindingKind.TheVariants as found
 use Rattle.zarrs_cli.specs.declared.kind.RemarkKind.{RemarkKind}
 use Rattle.zarrs_cli.specs.declared.kind.RemarkKind.TheVariants.{BadDocument, BadName, NoNode, Orphaned, BadShape}
-use Rattle.zarrs_cli.specs.declared.kind.RemarkKind.TheVariants.{NotOpened, BadBlock, BadKey, Shadowed, OwnKey}
+use Rattle.zarrs_cli.specs.declared.kind.RemarkKind.TheVariants.{BadFillValue, BadCodecs, NotOpened, BadBlock, BadKey}
+use Rattle.zarrs_cli.specs.declared.kind.RemarkKind.TheVariants.{Shadowed, OwnKey}
 use Rattle.zarrs_cli.specs.declared.kind.RemarkKind.TheVariants.{OwnAttributes, Differs, Unreachable, Stale, Unreached}
 use Rattle.zarrs_cli.specs.declared.kind.RemarkKind.TheVariants.{Missing, Misplaced, Beside, Alike, LeftOver}
 
@@ -28,6 +29,8 @@ kind_word BadName = codes "bad-name"
 kind_word NoNode = codes "no-node"
 kind_word Orphaned = codes "orphaned"
 kind_word BadShape = codes "bad-shape"
+kind_word BadFillValue = codes "bad-fill-value"
+kind_word BadCodecs = codes "bad-codecs"
 kind_word NotOpened = codes "not-opened"
 kind_word BadBlock = codes "bad-block"
 kind_word BadKey = codes "bad-key"
@@ -58,13 +61,15 @@ abbrev pub error_kind : NodeCreateError → RemarkKind
 error_kind (MissingMetadata text) = NoNode
 error_kind _ = BadDocument
 
--- what the own documents of a node tell: that its dimensions do not fit, that a reader refuses to open it, what is not
--- read, or what a run of writing left
+-- what the own documents of a node tell: that its dimensions, its fill value or its codecs do not fit, that a reader
+-- refuses to open it, what is not read, or what a run of writing left
 abbrev pub told_kind : NodeFinding → RemarkKind
 told_kind told.NoLengths = BadShape
 told_kind (told.GridRank lengths shape) = BadShape
 told_kind told.ZeroLength = BadShape
 told_kind (told.NameCount names shape) = BadShape
+told_kind (told.FillValue data_type) = BadFillValue
+told_kind told.NoCodecs = BadCodecs
 told_kind (told.UnknownField name) = NotOpened
 told_kind (told.DemandingBlock group) = NotOpened
 told_kind told.MisplacedBlock = Misplaced

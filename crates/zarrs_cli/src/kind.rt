@@ -19,6 +19,10 @@ pub enum RemarkKind {
     Orphaned,
     /// The dimensions of an array do not fit.
     BadShape,
+    /// The data type of an array does not have its fill value.
+    BadFillValue,
+    /// An array has no codecs.
+    BadCodecs,
     /// A field of a group must be understood, so readers refuse to open it.
     NotOpened,
     /// The block does not read.
@@ -64,6 +68,8 @@ impl RemarkKind {
             RemarkKind::NoNode => "no-node",
             RemarkKind::Orphaned => "orphaned",
             RemarkKind::BadShape => "bad-shape",
+            RemarkKind::BadFillValue => "bad-fill-value",
+            RemarkKind::BadCodecs => "bad-codecs",
             RemarkKind::NotOpened => "not-opened",
             RemarkKind::BadBlock => "bad-block",
             RemarkKind::BadKey => "bad-key",

@@ -393,6 +393,8 @@ fn told_kind(finding: &NodeFinding) -> RemarkKind
         NodeFinding::GridRank { .. } => RemarkKind::BadShape,
         NodeFinding::ZeroLength => RemarkKind::BadShape,
         NodeFinding::NameCount { .. } => RemarkKind::BadShape,
+        NodeFinding::FillValue(_) => RemarkKind::BadFillValue,
+        NodeFinding::NoCodecs => RemarkKind::BadCodecs,
         NodeFinding::UnknownField(_) => RemarkKind::NotOpened,
         NodeFinding::DemandingBlock(_) => RemarkKind::NotOpened,
         NodeFinding::MisplacedBlock => RemarkKind::Misplaced,

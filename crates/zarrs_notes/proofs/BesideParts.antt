@@ -37,11 +37,11 @@ misplaced_test s p (Array (array_v3 a)) = block_test (get_member block_name a.ad
 misplaced_test s p (Array (array_v2 a)) = (λ h. h, λ h. h)
 
 -- what is told of a misplaced block
-pub misplaced_part : (s : Contents) (p : Path) (m : NodeMetadata) → IsPart 4 5 (IsMisplacedFinding s p m) (told_if (is_misplaced s p m) MisplacedBlock)
+pub misplaced_part : (s : Contents) (p : Path) (m : NodeMetadata) → IsPart 6 7 (IsMisplacedFinding s p m) (told_if (is_misplaced s p m) MisplacedBlock)
 misplaced_part s p m =
-    said 4 5 (λ f. (is_misplaced s p m ≡ true) × (f ≡ MisplacedBlock)) (IsMisplacedFinding s p m) (told_if (is_misplaced s p m) MisplacedBlock)
+    said 6 7 (λ f. (is_misplaced s p m ≡ true) × (f ≡ MisplacedBlock)) (IsMisplacedFinding s p m) (told_if (is_misplaced s p m) MisplacedBlock)
     (λ f. (λ h. ((misplaced_test s p m).0 h.0, h.1), λ h. ((misplaced_test s p m).1 h.0, h.1)))
-    (told_part 4 (is_misplaced s p m) MisplacedBlock refl)
+    (told_part 6 (is_misplaced s p m) MisplacedBlock refl)
 
 -- ---- documents
 
@@ -126,7 +126,7 @@ module _ (s : Contents) (p : Path) (d : Option NodeFile) where
   }
 
 -- the documents that are not read ascend
-passed_ascend : (m : NodeMetadata) → FilesAscend 5 10 (passed_over m)
+passed_ascend : (m : NodeMetadata) → FilesAscend 7 12 (passed_over m)
 unfolding FilesAscend
 passed_ascend (Group (group_v3 g)) = (lit≤ tt, (lit≤ tt, (lit≤ tt, (lit≤ tt, lit≤ tt))))
 passed_ascend (Group (group_v2 g)) = lit≤ tt
@@ -134,16 +134,16 @@ passed_ascend (Array (array_v3 a)) = (lit≤ tt, (lit≤ tt, (lit≤ tt, (lit≤
 passed_ascend (Array (array_v2 a)) = (lit≤ tt, lit≤ tt)
 
 -- what a run of writing leaves ascends
-left_ascend : (m : NodeMetadata) → FilesAscend 10 12 (left_over m)
+left_ascend : (m : NodeMetadata) → FilesAscend 12 14 (left_over m)
 unfolding FilesAscend
 left_ascend (Group (group_v3 g)) = (lit≤ tt, lit≤ tt)
 left_ascend (Group (group_v2 g)) = (lit≤ tt, lit≤ tt)
 left_ascend (Array a) = lit≤ tt
 
 -- what is told of the documents that are not read
-pub beside_part : (s : Contents) (p : Path) (m : NodeMetadata) → IsPart 5 10 (IsBesideFinding s p m) (file_findings s p (Some (main_document m)) (passed_over m))
-beside_part s p m = files_part s p (Some (main_document m)) 5 10 (passed_over m) (passed_ascend m)
+pub beside_part : (s : Contents) (p : Path) (m : NodeMetadata) → IsPart 7 12 (IsBesideFinding s p m) (file_findings s p (Some (main_document m)) (passed_over m))
+beside_part s p m = files_part s p (Some (main_document m)) 7 12 (passed_over m) (passed_ascend m)
 
 -- what is told of what a run of writing left
-pub left_part : (s : Contents) (p : Path) (m : NodeMetadata) → IsPart 10 12 (IsLeftOverFinding s p m) (file_findings s p None (left_over m))
-left_part s p m = files_part s p None 10 12 (left_over m) (left_ascend m)
+pub left_part : (s : Contents) (p : Path) (m : NodeMetadata) → IsPart 12 14 (IsLeftOverFinding s p m) (file_findings s p None (left_over m))
+left_part s p m = files_part s p None 12 14 (left_over m) (left_ascend m)

@@ -38,10 +38,10 @@ string_order k l = cmp (string_bytes k) (string_bytes l)
 -- ---- one finding
 
 -- a finding of a field has the place of fields, and is of that field
-pub field_place : (p : Path) (name : List ℕ) → place_of (field_finding p name) ≡ 3
+pub field_place : (p : Path) (name : List ℕ) → place_of (field_finding p name) ≡ 5
 field_place p name = by (bytes_eq name block_name)
   where
-    by : (b : Bool) → place_of (if b then DemandingBlock p else UnknownField name) ≡ 3
+    by : (b : Bool) → place_of (if b then DemandingBlock p else UnknownField name) ≡ 5
     by true = refl
     by false = refl
 
@@ -145,19 +145,19 @@ module _ (p : Path) where
       by false rest = rest
 
   -- what is told of ascending fields
-  entries_part : (es : List Entry) → NamesAscend es → IsPart 3 4 (OfFields p (members_of es)) (field_findings p (members_of es))
+  entries_part : (es : List Entry) → NamesAscend es → IsPart 5 6 (OfFields p (members_of es)) (field_findings p (members_of es))
   entries_part es up = record {
     exact = λ f. (told_in es up f, λ h. subst (Contains (field_findings p (members_of es))) (sym h.4) (told_out es h.0 h.1 h.2 h.3));
     ascend = told_ascend es up;
     within = λ f h. let w = told_in es up f h in at w.0 f w.4;
   }
     where
-      at : (name : List ℕ) (f : NodeFinding) → f ≡ field_finding p name → (3 ≤ place_of f) × (place_of f < 4)
-      at name f is = let e : place_of f ≡ 3 = ap place_of is ∙ field_place p name in (omega arith, omega arith)
+      at : (name : List ℕ) (f : NodeFinding) → f ≡ field_finding p name → (5 ≤ place_of f) × (place_of f < 6)
+      at name f is = let e : place_of f ≡ 5 = ap place_of is ∙ field_place p name in (omega arith, omega arith)
 
 -- what is told of the fields of a group
-pub field_part : (p : Path) (m : NodeMetadata) → FieldsAscend (fields_of m) → IsPart 3 4 (IsFieldFinding p m) (field_findings p (fields_of m))
-field_part p m (es, up, same) = subst (λ ms. IsPart 3 4 (OfFields p ms) (field_findings p ms)) same (entries_part p es up)
+pub field_part : (p : Path) (m : NodeMetadata) → FieldsAscend (fields_of m) → IsPart 5 6 (IsFieldFinding p m) (field_findings p (fields_of m))
+field_part p m (es, up, same) = subst (λ ms. IsPart 5 6 (OfFields p ms) (field_findings p ms)) same (entries_part p es up)
 
 -- no fields ascend
 pub none_ascend : (ms : Members) → no_members ≡ ms → FieldsAscend ms

@@ -59,7 +59,7 @@ module _ (m : NodeMetadata) (s t : Contents) (p : Path) (same : HaveSameFiles s 
 
   -- and in all
   same_told : (f : NodeFinding) → IsNodeFinding s p m f → IsNodeFinding t p m f
-  same_told f = ⊎_elim inl (λ l. inr (⊎_elim inl (λ a. inr (⊎_elim inl (λ b. inr (⊎_elim inl (λ c. inr (⊎_elim inl (λ d. inr (same_documents f d)) c)) b)) a)) l))
+  same_told f = ⊎_elim inl (λ l. inr (⊎_elim inl (λ a. inr (⊎_elim inl (λ b. inr (⊎_elim inl (λ c. inr (⊎_elim inl (λ d. inr (⊎_elim inl (λ e. inr (⊎_elim inl (λ g. inr (same_documents f g)) e)) d)) c)) b)) a)) l))
 
 -- of two stores that have the same at the documents of a node that are looked at, the same is told of it
 pub notes_same : SameFilesTellSame
@@ -73,5 +73,5 @@ pub untold_is_understood : UntoldIsUnderstood
 untold_is_understood s p m found h none name d held = by (must_understand d) refl
   where
     by : (b : Bool) → must_understand d ≡ b → must_understand d ≡ false
-    by true is = absurd (none name ((h.exact (field_finding p name)).1 (inr (inr (inr (inr (inl (name, d, held, is, refl))))))))
+    by true is = absurd (none name ((h.exact (field_finding p name)).1 (inr (inr (inr (inr (inr (inr (inl (name, d, held, is, refl))))))))))
     by false is = is

@@ -2,6 +2,8 @@ pub mod BesideParts
 pub mod FieldParts
 pub mod ItemSteps
 pub mod LawProofs
+pub mod Pairs
 pub mod Parts
 pub mod ShapeParts
 pub mod ToldNotes
+pub mod ValueParts

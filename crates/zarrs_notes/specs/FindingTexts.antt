@@ -8,7 +8,8 @@ use Rattle.zarrs_path.specs.Paths.{path_text}
 use Rattle.zarrs_notes.specs.BesideDocuments.{name_of_file}
 use Rattle.zarrs_notes.specs.declared.finding.NodeFinding.{NodeFinding}
 use Rattle.zarrs_notes.specs.declared.finding.NodeFinding.TheVariants.{NoLengths, GridRank, ZeroLength, NameCount}
-use Rattle.zarrs_notes.specs.declared.finding.NodeFinding.TheVariants.{UnknownField, DemandingBlock, MisplacedBlock}
+use Rattle.zarrs_notes.specs.declared.finding.NodeFinding.TheVariants.{FillValue, NoCodecs, UnknownField}
+use Rattle.zarrs_notes.specs.declared.finding.NodeFinding.TheVariants.{DemandingBlock, MisplacedBlock}
 use Rattle.zarrs_notes.specs.declared.finding.NodeFinding.TheVariants.{Beside, LeftOver}
 
 -- what there is to tell
@@ -20,6 +21,8 @@ node_finding_text (GridRank lengths shape) =
 node_finding_text ZeroLength = codes "bad shape: a chunk has the length 0"
 node_finding_text (NameCount names shape) =
     codes "bad shape: there are " ++ (decimal names ++ (codes " dimension names, and the shape has " ++ decimal shape))
+node_finding_text (FillValue data_type) = codes "bad fill value: it is no value of " ++ data_type
+node_finding_text NoCodecs = codes "bad codecs: there is none, and one has to make bytes of a chunk"
 node_finding_text (UnknownField name) = codes "not opened: the field " ++ (name ++ codes " must be understood")
 node_finding_text (DemandingBlock group) =
     codes "not opened: the block of " ++ (path_text group ++ codes " has no must_understand false")

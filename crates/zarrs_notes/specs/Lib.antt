@@ -1,5 +1,6 @@
 pub mod BesideDocuments
 pub mod Demands
+pub mod FillValues
 pub mod FindingTexts
 pub mod Laws
 pub mod NodeFindings

@@ -16,8 +16,11 @@ use Rattle.zarrs_store.specs.Segments.{bytes_cmp}
 use Rattle.zarrs_store.specs.Contents.{Contents}
 use Rattle.zarrs_path.specs.Paths.{Path}
 use Rattle.zarrs_form.specs.Fields.{must_understand}
+use Rattle.zarrs_meta.specs.declared.node.ArrayMetadata.TheVariants.{V3, V2}
 use Rattle.zarrs_meta.specs.declared.node.NodeMetadata.{NodeMetadata}
+use Rattle.zarrs_meta.specs.declared.node.NodeMetadata.TheVariants.{Group, Array}
 use Rattle.zarrs_notes.specs.Shapes.{rank, is_regular, lengths_of_chunks, names_of_dimensions}
+use Rattle.zarrs_notes.specs.FillValues.{is_fill_value}
 use Rattle.zarrs_notes.specs.Demands.{fields_of, block_name, field_finding}
 use Rattle.zarrs_notes.specs.BesideDocuments.{HasFile, HasMisplacedBlock, main_document, passed_over, left_over}
 use Rattle.zarrs_notes.specs.declared.file.NodeFile.{NodeFile}
@@ -25,7 +28,8 @@ use Rattle.zarrs_notes.specs.declared.file.NodeFile.TheVariants.{ZarrJson, Zarra
 use Rattle.zarrs_notes.specs.declared.file.NodeFile.TheVariants.{NewZarrJson, NewZmetadata}
 use Rattle.zarrs_notes.specs.declared.finding.NodeFinding.{NodeFinding}
 use Rattle.zarrs_notes.specs.declared.finding.NodeFinding.TheVariants.{NoLengths, GridRank, ZeroLength, NameCount}
-use Rattle.zarrs_notes.specs.declared.finding.NodeFinding.TheVariants.{UnknownField, DemandingBlock, MisplacedBlock}
+use Rattle.zarrs_notes.specs.declared.finding.NodeFinding.TheVariants.{FillValue, NoCodecs, UnknownField}
+use Rattle.zarrs_notes.specs.declared.finding.NodeFinding.TheVariants.{DemandingBlock, MisplacedBlock}
 use Rattle.zarrs_notes.specs.declared.finding.NodeFinding.TheVariants.{Beside, LeftOver}
 
 -- the chunks are regular, and have no lengths
@@ -47,6 +51,19 @@ abbrev pub IsNameFinding : NodeMetadata → NodeFinding → Type 0
 IsNameFinding m f =
     (names : List (Option (List ℕ))) × (names_of_dimensions m ≡ Some names) × (length names ≢ rank m)
     × (f ≡ NameCount (length names) (rank m))
+
+-- the data type of a version 3 array does not have its fill value
+abbrev pub IsFillFinding : NodeMetadata → NodeFinding → Type 0
+IsFillFinding (Group g) f = ⊥
+IsFillFinding (Array (V2 a)) f = ⊥
+IsFillFinding (Array (V3 a)) f =
+    (is_fill_value a.data_type.name a.fill_value ≡ false) × (f ≡ FillValue a.data_type.name)
+
+-- a version 3 array has no codecs, of which one has to make bytes of a chunk
+abbrev pub IsCodecFinding : NodeMetadata → NodeFinding → Type 0
+IsCodecFinding (Group g) f = ⊥
+IsCodecFinding (Array (V2 a)) f = ⊥
+IsCodecFinding (Array (V3 a)) f = (a.codecs ≡ []) × (f ≡ NoCodecs)
 
 -- an additional field of the group must be understood
 abbrev pub IsFieldFinding : Path → NodeMetadata → NodeFinding → Type 0
@@ -70,8 +87,9 @@ IsLeftOverFinding s p m f = (file : NodeFile) × Contains (left_over m) file × 
 -- what there is to tell of the node at p that has these metadata
 abbrev pub IsNodeFinding : Contents → Path → NodeMetadata → NodeFinding → Type 0
 IsNodeFinding s p m f =
-    IsLengthsFinding m f ⊎ IsGridFinding m f ⊎ IsZeroFinding m f ⊎ IsNameFinding m f ⊎ IsFieldFinding p m f
-    ⊎ IsMisplacedFinding s p m f ⊎ IsBesideFinding s p m f ⊎ IsLeftOverFinding s p m f
+    IsLengthsFinding m f ⊎ IsGridFinding m f ⊎ IsZeroFinding m f ⊎ IsNameFinding m f ⊎ IsFillFinding m f
+    ⊎ IsCodecFinding m f ⊎ IsFieldFinding p m f ⊎ IsMisplacedFinding s p m f ⊎ IsBesideFinding s p m f
+    ⊎ IsLeftOverFinding s p m f
 
 -- a misplaced block, a document beside another and what is left over are notes, worth knowing while the node reads as
 -- it did; all else is a finding
@@ -80,6 +98,8 @@ is_note NoLengths = false
 is_note (GridRank lengths shape) = false
 is_note ZeroLength = false
 is_note (NameCount names shape) = false
+is_note (FillValue data_type) = false
+is_note NoCodecs = false
 is_note (UnknownField name) = false
 is_note (DemandingBlock group) = false
 is_note MisplacedBlock = true
@@ -90,24 +110,27 @@ is_note (LeftOver file) = true
 
 -- the place of a document among others
 abbrev pub file_place : NodeFile → ℕ
-file_place ZarrJson = 5
-file_place Zarray = 6
-file_place Zgroup = 7
-file_place Zattrs = 8
-file_place Zmetadata = 9
-file_place NewZarrJson = 10
-file_place NewZmetadata = 11
+file_place ZarrJson = 7
+file_place Zarray = 8
+file_place Zgroup = 9
+file_place Zattrs = 10
+file_place Zmetadata = 11
+file_place NewZarrJson = 12
+file_place NewZmetadata = 13
 
--- the place of a finding: the dimensions, the fields of a group, a misplaced block, and documents by their kinds, of
--- which those that are left over come last; what has no lengths has no other number of them
+-- the place of a finding: the dimensions, the fill value, the codecs, the fields of a group, a misplaced block, and
+-- documents by their kinds, of which those that are left over come last; what has no lengths has no other number of
+-- them
 abbrev pub place_of : NodeFinding → ℕ
 place_of NoLengths = 0
 place_of (GridRank lengths shape) = 0
 place_of ZeroLength = 1
 place_of (NameCount names shape) = 2
-place_of (UnknownField name) = 3
-place_of (DemandingBlock group) = 3
-place_of MisplacedBlock = 4
+place_of (FillValue data_type) = 3
+place_of NoCodecs = 4
+place_of (UnknownField name) = 5
+place_of (DemandingBlock group) = 5
+place_of MisplacedBlock = 6
 place_of (Beside file document) = file_place file
 place_of (LeftOver file) = file_place file
 

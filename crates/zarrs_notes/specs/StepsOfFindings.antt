@@ -17,12 +17,13 @@ use Rattle.zarrs_meta.specs.declared.node.NodeMetadata.{NodeMetadata}
 use Rattle.zarrs_meta.specs.declared.node.NodeMetadata.TheVariants.{Group, Array}
 use Rattle.zarrs_notes.specs.BesideDocuments.{name_of_file}
 use Rattle.zarrs_notes.specs.Demands.{block_name, field_finding}
+use Rattle.zarrs_notes.specs.FillValues.{is_fill_value}
 use Rattle.zarrs_notes.specs.Shapes.{rank, is_regular, lengths_of_chunks, names_of_dimensions}
 use Rattle.zarrs_notes.specs.declared.file.NodeFile.{NodeFile}
 use Rattle.zarrs_notes.specs.declared.file.NodeFile.TheVariants.{Zmetadata}
 use Rattle.zarrs_notes.specs.declared.finding.NodeFinding.{NodeFinding}
 use Rattle.zarrs_notes.specs.declared.finding.NodeFinding.TheVariants.{NoLengths, GridRank, ZeroLength, NameCount}
-use Rattle.zarrs_notes.specs.declared.finding.NodeFinding.TheVariants.{Beside, LeftOver}
+use Rattle.zarrs_notes.specs.declared.finding.NodeFinding.TheVariants.{FillValue, NoCodecs, Beside, LeftOver}
 use Rattle.zarrs_notes.specs.declared.shapes.Lengths.{Lengths}
 
 -- the finding where there is cause, else none
@@ -55,6 +56,19 @@ abbrev pub shape_findings : NodeMetadata → List NodeFinding
 shape_findings m =
     chunk_findings (rank m) (is_regular m) (measure_of (lengths_of_chunks m))
     ++ name_findings (rank m) (names_of_dimensions m)
+
+-- ---- the fill value and the codecs
+
+-- what is told of a fill value of a data type
+abbrev pub fill_findings : List ℕ → Data → List NodeFinding
+fill_findings name d = told_if (not (is_fill_value name d)) (FillValue name)
+
+-- what is told of the fill value and the codecs of a node
+abbrev pub value_findings : NodeMetadata → List NodeFinding
+value_findings (Group g) = []
+value_findings (Array (V2 a)) = []
+value_findings (Array (V3 a)) =
+    fill_findings a.data_type.name a.fill_value ++ told_if (length a.codecs == 0) NoCodecs
 
 -- ---- fields
 

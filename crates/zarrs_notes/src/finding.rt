@@ -35,6 +35,10 @@ pub enum NodeFinding {
         /// The number of lengths of the shape.
         shape: usize,
     },
+    /// A finding: the core data type with this name does not have the fill value of the version 3 array.
+    FillValue(Text),
+    /// A finding: a version 3 array has no codecs.
+    NoCodecs,
     /// A finding: the additional field of a group with this name must be understood, so opening the group is refused.
     UnknownField(Text),
     /// A finding: the block of the group at this path must be understood, so opening the group is refused.
@@ -75,18 +79,15 @@ impl fmt::Display for NodeFinding {
             NodeFinding::NoLengths => {
                 f.write_str("bad shape: a regular chunk grid has no list of lengths")
             }
-            NodeFinding::GridRank { lengths, shape } => {
-                write!(
-                    f,
-                    "bad shape: the chunk grid has {lengths} lengths, and the shape has {shape}"
-                )
-            }
+            NodeFinding::GridRank { lengths, shape } => write_grid_rank(f, *lengths, *shape),
             NodeFinding::ZeroLength => f.write_str("bad shape: a chunk has the length 0"),
-            NodeFinding::NameCount { names, shape } => {
-                write!(
-                    f,
-                    "bad shape: there are {names} dimension names, and the shape has {shape}"
-                )
+            NodeFinding::NameCount { names, shape } => write_name_count(f, *names, *shape),
+            NodeFinding::FillValue(data_type) => {
+                let data_type = data_type.as_str();
+                write!(f, "bad fill value: it is no value of {data_type}")
+            }
+            NodeFinding::NoCodecs => {
+                f.write_str("bad codecs: there is none, and one has to make bytes of a chunk")
             }
             NodeFinding::UnknownField(name) => {
                 let name = name.as_str();
@@ -110,6 +111,36 @@ impl fmt::Display for NodeFinding {
             NodeFinding::LeftOver(file) => write_left_over(f, file),
         }
     }
+}
+
+// Writes what is told of a chunk grid that has another number of lengths than the shape.
+fn write_grid_rank<W: fmt::Write>(
+    f: &mut fmt::Formatter<W>,
+    lengths: usize,
+    shape: usize,
+) -> fmt::Result
+    ensures { WritesOnOk W.write_str_gives f.old result
+        (node_finding_text (NodeFinding.GridRank lengths shape)) f.new }
+{
+    write!(
+        f,
+        "bad shape: the chunk grid has {lengths} lengths, and the shape has {shape}"
+    )
+}
+
+// Writes what is told of another number of dimension names than the shape has lengths.
+fn write_name_count<W: fmt::Write>(
+    f: &mut fmt::Formatter<W>,
+    names: usize,
+    shape: usize,
+) -> fmt::Result
+    ensures { WritesOnOk W.write_str_gives f.old result
+        (node_finding_text (NodeFinding.NameCount names shape)) f.new }
+{
+    write!(
+        f,
+        "bad shape: there are {names} dimension names, and the shape has {shape}"
+    )
 }
 
 // Writes what is told of a file that a run of writing left.

@@ -10,6 +10,7 @@ mod finding;
 pub mod laws;
 mod node;
 mod shapes;
+mod values;
 
 pub use file::NodeFile;
 pub use finding::NodeFinding;

@@ -90,18 +90,31 @@ const GROUP: &str =
     r#"a/zarr.json {"consolidated_metadata":1,"node_type":"group","x":1,"zarr_format":3};a/.zgroup G2;a/zarr.json.zarrs_new {}"#;
 
 // What is told of it.
-const WANTED: &str =
+const TOLD_OF_GROUP: &str =
     "not opened: the block of /a has no must_understand false\nnot opened: the field x must be understood\nnote: beside: .zgroup is not read, since zarr.json stands there too\nnote: left over: zarr.json.zarrs_new is of a run that was broken off, or that still writes\n";
 
-#[test]
-fn memory_fails_in_notes(rt: HostRuntime) -> Result<(), Fail> {
-    let alloc = rt.alloc();
-    let found = match told_past(alloc, "/a", GROUP, ".none") {
+// An array, of which all is told that can be told of its values.
+const ARRAY: &str =
+    r#"a/zarr.json {"chunk_grid":"regular","chunk_key_encoding":"default","codecs":[],"data_type":"int8","fill_value":null,"node_type":"array","shape":[],"zarr_format":3}"#;
+
+// What is told of it.
+const TOLD_OF_ARRAY: &str =
+    "bad shape: a regular chunk grid has no list of lengths\nbad fill value: it is no value of int8\nbad codecs: there is none, and one has to make bytes of a chunk\n";
+
+// Whether this is told of the node at `/a` of a store, or there is no memory for it.
+fn is_told(alloc: Global, documents: &str, wanted: &str) -> Result<(), Fail> {
+    let found = match told_past(alloc, "/a", documents, ".none") {
         Ok(found) => found,
         Err(error) => return Err(Fail::new(format_args!("{error}"))),
     };
     if NO_MEMORY.contains(&found.as_str()) {
         return Err(Fail::from(AllocError));
     }
-    is_same(found.as_str(), WANTED)
+    is_same(found.as_str(), wanted)
+}
+
+#[test]
+fn memory_fails_in_notes(rt: HostRuntime) -> Result<(), Fail> {
+    is_told(rt.alloc(), GROUP, TOLD_OF_GROUP)?;
+    is_told(rt.alloc(), ARRAY, TOLD_OF_ARRAY)
 }

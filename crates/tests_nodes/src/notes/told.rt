@@ -101,6 +101,13 @@ any / | zarr.json {"node_type":"array","zarr_format":3,"shape":[1],"data_type":"
 any / | zarr.json {"node_type":"array","zarr_format":3,"shape":[1,1],"data_type":"int8","chunk_grid":{"name":"regular","configuration":{"chunk_shape":[1]}},"chunk_key_encoding":"default","fill_value":0,"codecs":["bytes"],"dimension_names":[null]} => bad shape: the chunk grid has 1 lengths, and the shape has 2\nbad shape: there are 1 dimension names, and the shape has 2\n
 any / | zarr.json {"node_type":"array","zarr_format":3,"shape":[1],"data_type":"int8","chunk_grid":{"name":"regular","configuration":{"chunk_shape":[1]}},"chunk_key_encoding":"default","fill_value":0,"codecs":["bytes"]} =>
 any / | zarr.json {"node_type":"array","zarr_format":3,"shape":[1],"data_type":"int8","chunk_grid":{"name":"regular","configuration":{"chunk_shape":[1]}},"chunk_key_encoding":"default","fill_value":0,"codecs":["bytes"],"dimension_names":null} =>
+# no codecs
+any / | zarr.json {"node_type":"array","zarr_format":3,"shape":[1],"data_type":"int8","chunk_grid":{"name":"regular","configuration":{"chunk_shape":[1]}},"chunk_key_encoding":"default","fill_value":0,"codecs":[]} => bad codecs: there is none, and one has to make bytes of a chunk\n
+v3 /a | a/zarr.json {"node_type":"array","zarr_format":3,"shape":[],"data_type":"other","chunk_grid":{"name":"regular","configuration":{"chunk_shape":[]}},"chunk_key_encoding":"default","fill_value":null,"codecs":[]} => bad codecs: there is none, and one has to make bytes of a chunk\n
+any / | .zarray {"zarr_format":2,"shape":[1],"chunks":[1],"dtype":"|i1","fill_value":null,"order":"C","compressor":null,"filters":[]} =>
+# of a fill value of version 2 nothing is said
+any / | .zarray {"zarr_format":2,"shape":[1],"chunks":[1],"dtype":"|i1","fill_value":"x","order":"C","compressor":null,"filters":null} =>
+any / | .zarray {"zarr_format":2,"shape":[1],"chunks":[1],"dtype":"int8","fill_value":128,"order":"C","compressor":null,"filters":null} =>
 # fields of a group that must be understood, in the order of their names
 any / | zarr.json {"node_type":"group","zarr_format":3,"x":1} => not opened: the field x must be understood\n
 any / | zarr.json {"node_type":"group","zarr_format":3,"x":{"must_understand":true}} => not opened: the field x must be understood\n
@@ -152,6 +159,7 @@ v2 / | zarr.json G3;.zgroup G2;.zattrs {};.zmetadata {} =>
 v2 / | zarr.json NUL;.zarray A2;.zgroup NUL => note: beside: .zgroup is not read, since .zarray stands there too\n
 v2 / | zarr.json G3;zarr.json.zarrs_new {};.zgroup G2;.zmetadata.zarrs_new {} => note: left over: .zmetadata.zarrs_new is of a run that was broken off, or that still writes\n
 # all in order
+any /a | a/zarr.json {"node_type":"array","zarr_format":3,"shape":[1],"data_type":"int8","chunk_grid":"regular","chunk_key_encoding":"default","fill_value":null,"codecs":[],"dimension_names":[],"consolidated_metadata":{}};a/.zarray A2 => bad shape: a regular chunk grid has no list of lengths\nbad shape: there are 0 dimension names, and the shape has 1\nbad fill value: it is no value of int8\nbad codecs: there is none, and one has to make bytes of a chunk\nnote: misplaced: an array has a block, which is not read\nnote: beside: .zarray is not read, since zarr.json stands there too\n
 any /a | a/zarr.json {"node_type":"array","zarr_format":3,"shape":[1,1],"data_type":"int8","chunk_grid":{"name":"regular","configuration":{"chunk_shape":[0]}},"chunk_key_encoding":"default","fill_value":0,"codecs":["bytes"],"dimension_names":["x"],"consolidated_metadata":{}};a/.zgroup G2;a/.zarray A2 => bad shape: the chunk grid has 1 lengths, and the shape has 2\nbad shape: a chunk has the length 0\nbad shape: there are 1 dimension names, and the shape has 2\nnote: misplaced: an array has a block, which is not read\nnote: beside: .zarray is not read, since zarr.json stands there too\nnote: beside: .zgroup is not read, since zarr.json stands there too\n
 any / | zarr.json {"node_type":"group","zarr_format":3,"x":1};.zattrs {} => not opened: the field x must be understood\nnote: beside: .zattrs is not read, since zarr.json stands there too\n
 any / | zarr.json {"node_type":"group","zarr_format":3,"x":1};zarr.json.zarrs_new {};.zmetadata.zarrs_new {};.zmetadata {};.zgroup G2 => not opened: the field x must be understood\nnote: beside: .zgroup is not read, since zarr.json stands there too\nnote: beside: .zmetadata is not read, since zarr.json stands there too\nnote: left over: zarr.json.zarrs_new is of a run that was broken off, or that still writes\n
@@ -172,7 +180,7 @@ fn each_kind_is_told_once_and_nothing_of_good_nodes(rt: HostRuntime) -> Result<(
 // The same of documents that hold fractions, in a store that may hold them.
 const FRACTIONS: &str = r#"
 any / | zarr.json {"node_type":"group","zarr_format":3,"x":0.5} => not opened: the field x must be understood\n
-any / | zarr.json {"node_type":"array","zarr_format":3,"shape":[1,1],"data_type":"int8","chunk_grid":{"name":"regular","configuration":{"chunk_shape":[1],"x":0.5}},"chunk_key_encoding":"default","fill_value":0.5,"codecs":["bytes"]} => bad shape: the chunk grid has 1 lengths, and the shape has 2\n
+any / | zarr.json {"node_type":"array","zarr_format":3,"shape":[1,1],"data_type":"int8","chunk_grid":{"name":"regular","configuration":{"chunk_shape":[1],"x":0.5}},"chunk_key_encoding":"default","fill_value":0.5,"codecs":["bytes"]} => bad shape: the chunk grid has 1 lengths, and the shape has 2\nbad fill value: it is no value of int8\n
 any / | zarr.json {"node_type":"array","zarr_format":3,"shape":[1,1],"data_type":"int8","chunk_grid":{"name":"regular","configuration":{"chunk_shape":[1.5]}},"chunk_key_encoding":"default","fill_value":0,"codecs":["bytes"]} => bad shape: a regular chunk grid has no list of lengths\n
 any / | zarr.json {"node_type":"array","zarr_format":3,"shape":[1],"data_type":"int8","chunk_grid":{"name":"regular","configuration":{"chunk_shape":[0.0]}},"chunk_key_encoding":"default","fill_value":0,"codecs":["bytes"]} => bad shape: a regular chunk grid has no list of lengths\n
 any / | zarr.json {"node_type":"array","zarr_format":3,"shape":[1],"data_type":"int8","chunk_grid":{"name":"regular","configuration":{"chunk_shape":[1.0,2]}},"chunk_key_encoding":"default","fill_value":0,"codecs":["bytes"]} => bad shape: a regular chunk grid has no list of lengths\n
@@ -190,6 +198,107 @@ fn told_in_any(alloc: Global, given: &str) -> Result<String, NodeCreateError> {
 #[test]
 fn fractions_change_nothing(rt: HostRuntime) -> Result<(), Fail> {
     check_rows(rt.alloc(), FRACTIONS, told_in_any)
+}
+
+// ---- fill values
+
+// A data type and a fill value, as they stand in a document; what is told of an array of version 3 that has them.
+const FILLS: &str = r#"
+"bool" | true =>
+"bool" | false =>
+"bool" | 0 => bad fill value: it is no value of bool\n
+"bool" | "true" => bad fill value: it is no value of bool\n
+"bool" | null => bad fill value: it is no value of bool\n
+"int8" | 127 =>
+"int8" | -128 =>
+"int8" | 128 => bad fill value: it is no value of int8\n
+"int8" | -129 => bad fill value: it is no value of int8\n
+"int8" | 1.0 => bad fill value: it is no value of int8\n
+"int8" | 1e1 => bad fill value: it is no value of int8\n
+"int8" | "1" => bad fill value: it is no value of int8\n
+"int8" | [1] => bad fill value: it is no value of int8\n
+"int8" | true => bad fill value: it is no value of int8\n
+"int8" | null => bad fill value: it is no value of int8\n
+"int16" | 32767 =>
+"int16" | -32768 =>
+"int16" | 32768 => bad fill value: it is no value of int16\n
+"int16" | -32769 => bad fill value: it is no value of int16\n
+"int32" | 2147483647 =>
+"int32" | -2147483648 =>
+"int32" | 2147483648 => bad fill value: it is no value of int32\n
+"int32" | -2147483649 => bad fill value: it is no value of int32\n
+"int64" | 9223372036854775807 =>
+"int64" | -9223372036854775808 =>
+"int64" | 9223372036854775808 => bad fill value: it is no value of int64\n
+"int64" | -9223372036854775809 => bad fill value: it is no value of int64\n
+"uint8" | 0 =>
+"uint8" | 255 =>
+"uint8" | 256 => bad fill value: it is no value of uint8\n
+"uint8" | -1 => bad fill value: it is no value of uint8\n
+"uint16" | 65535 =>
+"uint16" | 65536 => bad fill value: it is no value of uint16\n
+"uint32" | 4294967295 =>
+"uint32" | 4294967296 => bad fill value: it is no value of uint32\n
+"uint64" | 18446744073709551615 =>
+"uint64" | 18446744073709551616 => bad fill value: it is no value of uint64\n
+"uint64" | {} => bad fill value: it is no value of uint64\n
+"float16" | -0.5 =>
+"float16" | 18446744073709551616 =>
+"float16" | "0x7c00" =>
+"float16" | "0x7c0" => bad fill value: it is no value of float16\n
+"float16" | "0x7c000" => bad fill value: it is no value of float16\n
+"float32" | 0 =>
+"float32" | "NaN" =>
+"float32" | "Infinity" =>
+"float32" | "-Infinity" =>
+"float32" | "0x7fC0aF09" =>
+"float32" | "nan" => bad fill value: it is no value of float32\n
+"float32" | "+Infinity" => bad fill value: it is no value of float32\n
+"float32" | "0X7fc00000" => bad fill value: it is no value of float32\n
+"float32" | "0x7fc0000g" => bad fill value: it is no value of float32\n
+"float32" | "7fc0000000" => bad fill value: it is no value of float32\n
+"float32" | "0.5" => bad fill value: it is no value of float32\n
+"float32" | "" => bad fill value: it is no value of float32\n
+"float32" | null => bad fill value: it is no value of float32\n
+"float32" | false => bad fill value: it is no value of float32\n
+"float32" | [0] => bad fill value: it is no value of float32\n
+"float64" | "0x7ff8000000000000" =>
+"float64" | "0x7fc00000" => bad fill value: it is no value of float64\n
+"complex64" | [0,-0.5] =>
+"complex64" | ["NaN","0x7fc00000"] =>
+"complex64" | 0 => bad fill value: it is no value of complex64\n
+"complex64" | "NaN" => bad fill value: it is no value of complex64\n
+"complex64" | [] => bad fill value: it is no value of complex64\n
+"complex64" | [0] => bad fill value: it is no value of complex64\n
+"complex64" | [0,0,0] => bad fill value: it is no value of complex64\n
+"complex64" | [0,"x"] => bad fill value: it is no value of complex64\n
+"complex64" | ["x",0] => bad fill value: it is no value of complex64\n
+"complex64" | [[0,0],0] => bad fill value: it is no value of complex64\n
+"complex128" | ["0x7ff8000000000000","-Infinity"] =>
+"complex128" | ["0x7fc00000",0] => bad fill value: it is no value of complex128\n
+# a data type with a configuration has its name
+{"name":"int8","configuration":{}} | 128 => bad fill value: it is no value of int8\n
+# of any other data type nothing is said
+"string" | null =>
+"r16" | 0 =>
+"int" | "x" =>
+"Int8" | 128 =>
+"int8 " | null =>
+{"name":"numpy.datetime64","configuration":{"unit":"s"}} | null =>
+"#;
+
+fn told_of_fill(alloc: Global, given: &str) -> Result<String, NodeCreateError> {
+    let (data_type, fill) = fields(given);
+    let documents = format!(in alloc;
+        r#"zarr.json {{"chunk_grid":{{"configuration":{{"chunk_shape":[1]}},"name":"regular"}},"chunk_key_encoding":"default","codecs":["bytes"],"data_type":{data_type},"fill_value":{fill},"node_type":"array","shape":[1],"zarr_format":3}}"#
+    )?;
+    let inner = store_in(alloc, documents.as_str())?;
+    told(alloc, &AnyNumbers { inner }, "any /")
+}
+
+#[test]
+fn a_fill_value_is_one_of_its_data_type(rt: HostRuntime) -> Result<(), Fail> {
+    check_rows(rt.alloc(), FILLS, told_of_fill)
 }
 
 // ---- documents, and the laws
