@@ -36,13 +36,15 @@ fn make_linked(
 fn load<R: Log + Files + Clock + Eprint + AllocGlobal>(
     rt: &R,
     folder: &str,
+    path: &str,
     is_watched: bool,
 ) -> Result<AnyNumbers<MemoryStore>, FolderFault> {
     let mut folder = Disk::open(rt, folder)?.telling(is_watched);
-    let Ok(root) = NodePath::root(rt.alloc()) else {
+    folder.look_along(path)?;
+    let Ok(base) = NodePath::new(rt.alloc(), path) else {
         return Err(FolderFault::OutOfMemory);
     };
-    load_nodes(rt.alloc(), &mut folder, Documents::All, &root)
+    load_nodes(rt.alloc(), &mut folder, Documents::All, &base)
 }
 
 // The keys of a store, with a blank behind each.
@@ -58,10 +60,10 @@ fn keys_said(alloc: Global, store: &AnyNumbers<MemoryStore>) -> Result<String, A
     Ok(text)
 }
 
-// The keys that are loaded of a folder or why none are, and the warnings.
-fn said(rt: &HostRuntime, folder: &str) -> Result<String, AllocError> {
+// The keys that are loaded of a folder from a path on or why none are, and the warnings.
+fn said(rt: &HostRuntime, folder: &str, path: &str) -> Result<String, AllocError> {
     let sink = Writer::new(Vec::new(rt.alloc()));
-    let answer = load(&Logged::new(rt, Level::Warn, &sink), folder, false);
+    let answer = load(&Logged::new(rt, Level::Warn, &sink), folder, path, false);
     let mut text = match answer {
         Ok(store) => keys_said(rt.alloc(), &store)?,
         Err(fault) => printed(&fault, rt.alloc())?,
@@ -81,6 +83,10 @@ fn has_loaded(found: &str, keys: &str, warning: &str) -> Result<(), Fail> {
     }
 }
 
+// The warning of a link that leads back.
+const LINK_BACK: &str =
+    "WARN  zarrs_folder::disk] disks/link/up was passed over: it is a link to a folder on its own way\n";
+
 #[test]
 fn links_are_followed_and_one_on_its_own_way_is_named(rt: HostRuntime) -> Result<(), Fail> {
     let files = [
@@ -99,9 +105,15 @@ fn links_are_followed_and_one_on_its_own_way_is_named(rt: HostRuntime) -> Result
     ];
     make_linked(&rt, "disks", &files, &links)?;
     has_loaded(
-        said(&rt, "disks/link")?.as_str(),
+        said(&rt, "disks/link", "/")?.as_str(),
         "a/zarr.json g/x/zarr.json g/zarr.json u/v/w zarr.json ",
-        "WARN  zarrs_folder::disk] disks/link/up was passed over: it is a link to a folder on its own way\n",
+        LINK_BACK,
+    )?;
+    has_loaded(said(&rt, "disks/link", "/up/a")?.as_str(), "", LINK_BACK)?;
+    has_loaded(
+        said(&rt, "disks/link", "/g/x")?.as_str(),
+        "g/x/zarr.json ",
+        "",
     )?;
     fs::remove_dir_all(&rt, "disks")?;
     Ok(())
@@ -121,6 +133,28 @@ fn nothing_stands_behind_a_link_on_its_own_way(rt: HostRuntime) -> Result<(), Fa
         &run(&rt, &["check", "behind"])?,
         "/up: stale: the block of / has it, and the store has not\n/up/a: stale: the block of / has it, and the store has not\n",
         "[WARN  zarrs_folder::disk] behind/up was passed over: it is a link to a folder on its own way\nzarrs: 2 nodes, 2 findings\n",
+        1,
+    );
+    for words in [
+        &["show", "behind", "/up/a"],
+        &["list", "behind", "/up/a"],
+        &["consolidate", "behind", "/up/a"],
+    ] {
+        assert_ran(
+            &rt,
+            "a path behind a link",
+            &run(&rt, words)?,
+            "",
+            "[WARN  zarrs_folder::disk] behind/up was passed over: it is a link to a folder on its own way\nzarrs: there is no node at /up/a in behind\n",
+            2,
+        );
+    }
+    assert_ran(
+        &rt,
+        "a check of a path behind a link",
+        &run(&rt, &["check", "behind", "/up/a"])?,
+        "/up/a: Metadata is missing for /up/a\n/up/a: stale: the block of / has it, and the store has not\n",
+        "[WARN  zarrs_folder::disk] behind/up was passed over: it is a link to a folder on its own way\nzarrs: 0 nodes, 2 findings\n",
         1,
     );
     fs::remove_dir_all(&rt, "behind")?;
@@ -156,7 +190,7 @@ fn a_node_that_no_listing_shows_is_named(rt: HostRuntime) -> Result<(), Fail> {
     for name in ["__a", "__b", "__c", "g/__h"] {
         wanted.push_str(line(name)?.as_str())?;
     }
-    is_same(said(&rt, "hidden"), wanted.as_str())?;
+    is_same(said(&rt, "hidden", "/"), wanted.as_str())?;
     fs::remove_dir_all(&rt, "hidden")?;
     Ok(())
 }
@@ -164,11 +198,11 @@ fn a_node_that_no_listing_shows_is_named(rt: HostRuntime) -> Result<(), Fail> {
 #[test]
 fn what_is_not_read_is_named_with_the_systems_words(rt: HostRuntime) -> Result<(), Fail> {
     make_folder(&rt, "unread", &[("file", "")])?;
-    let absent = said(&rt, "unread/nope");
+    let absent = said(&rt, "unread/nope", "/");
     is_same(absent, "unread/nope: No such file or directory")?;
-    let file = said(&rt, "unread/file");
+    let file = said(&rt, "unread/file", "/");
     is_same(file, "unread/file is a file, and a store is a folder")?;
-    is_same(said(&rt, "unread"), "")?;
+    is_same(said(&rt, "unread", "/"), "")?;
     fs::remove_dir_all(&rt, "unread")?;
     Ok(())
 }
@@ -178,7 +212,7 @@ fn told(rt: &HostRuntime, folder: &str, is_watched: bool) -> Result<String, Allo
     let sink = Writer::new(Vec::new(rt.alloc()));
     let ticking = Ticking::new(rt);
     let log = Logged::new(&ticking, Level::Warn, &sink);
-    let mut text = match load(&log, folder, is_watched) {
+    let mut text = match load(&log, folder, "/", is_watched) {
         Ok(store) => keys_said(rt.alloc(), &store)?,
         Err(fault) => printed(&fault, rt.alloc())?,
     };

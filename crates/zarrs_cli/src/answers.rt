@@ -204,6 +204,7 @@ fn consolidate_disk<R: Log + Files + Clock + Eprint + AllocGlobal, W: Write>(
         → Keeps (W.contents output.old) (W.contents output.new)) }
 {
     let mut disk = Disk::open(host.rt, source)?.telling(host.is_watched);
+    disk.look_along(request.path)?;
     let folder = folder_of(host.rt.alloc(), source, request.path)?;
     consolidate_opened(host, request, folder.as_str(), &mut disk, output)
 }
@@ -293,6 +294,7 @@ fn run_disk<R: Log + Files + Clock + Eprint + AllocGlobal, W: Write>(
         → Keeps (W.contents output.old) (W.contents output.new)) }
 {
     let mut disk = Disk::open(host.rt, source)?.telling(host.is_watched);
+    disk.look_along(path)?;
     run_opened(host.rt, word, path, &mut disk, output)
 }
 

@@ -17,10 +17,11 @@ use std::os::unix::fs::MetadataExt;
 use std::rt::Files;
 use std::time::Clock;
 use std::{fs, io};
+use zarrs_path::NodePath;
 use zarrs_store::{StoreKey, StorePrefix};
 
 /// A folder of the system, by its path. Links are followed, its own and those below it. A link that leads to a folder on its own way is passed
-/// over, and a warning names it; from then on no document stands behind it. What is neither a file nor a folder is passed over too. A warning names
+/// over, and a warning names it; from then on nothing stands behind it. What is neither a file nor a folder is passed over too. A warning names
 /// each node that no listing shows, since its name begins with `__`.
 ///
 /// Its answers are noted, for contracts only: it agrees with each store that has all answers so far. So it promises nothing where the files
@@ -87,6 +88,29 @@ impl<'a, R: Log + Files + Clock + Eprint + AllocGlobal> Disk<'a, R> {
         disk.progress = Progress::new(disk.system.rt, is_wanted);
         disk
     }
+
+    /// Looks at the names of a path from the first on, and passes over a link to a folder on its own way there, as where a listing comes upon it. At what
+    /// is no path it does not look.
+    ///
+    /// # Errors
+    /// `Unread` where what stands at a name is not looked at. `OutOfMemory`.
+    ///
+    /// Source: own.
+    pub fn look_along(&mut self, path: &str) -> Result<(), FolderFault>
+        ensures before { (V : Values) → ⟦<Disk<'a, R> as Folder>⟧.agrees self.new V
+            → ⟦<Disk<'a, R> as Folder>⟧.agrees self.old V }
+        ensures after { (V : Values) → ⟦<Disk<'a, R> as Folder>⟧.agrees self.old V
+            → ⟦<Disk<'a, R> as Folder>⟧.agrees self.new V }
+        ensures err { IfErr result (IsFaultOfFolder true) }
+    {
+        let alloc = self.system.rt.alloc();
+        match path.strip_prefix('/') {
+            Some(names) if !names.is_empty() && NodePath::validate(path) => {
+                self.system.look_along(alloc, names)
+            }
+            _ => Ok(()),
+        }
+    }
 }
 
 impl<R: Log + Files + AllocGlobal> System<'_, R> {
@@ -124,13 +148,13 @@ impl<R: Log + Files + AllocGlobal> System<'_, R> {
         }
     }
 
-    // Whether a file stands behind a link that was passed over.
-    fn is_behind_passed(&self, alloc: Global, key: &str) -> Result<bool, AllocError> {
+    // Whether what has this text as its key or its prefix stands behind a link that was passed over.
+    fn is_behind_passed(&self, alloc: Global, text: &str) -> Result<bool, AllocError> {
         if self.passed.is_empty() {
             return Ok(false);
         }
         let mut way = String::new(alloc);
-        for name in key.split('/') {
+        for name in text.split('/') {
             way.push_str(name)?;
             if self.passed.contains(way.as_str()) {
                 return Ok(true);
@@ -204,12 +228,15 @@ impl<R: Log + Files + AllocGlobal> System<'_, R> {
         Err(FolderFault::OutOfMemory)
     }
 
-    // The names in a folder, each behind the text of the folder's prefix. A folder that is absent has none.
+    // The names in a folder, each behind the text of the folder's prefix. A folder that is absent has none, nor has one behind a link that was passed over.
     fn names(&self, alloc: Global, prefix: &str) -> Result<Vec<String>, FolderFault>
         ensures err { IfErr result (IsFaultOfFolder true) }
     {
-        let path = self.path(alloc, prefix)?;
         let mut names = Vec::new(alloc);
+        if self.is_behind_passed(alloc, prefix)? {
+            return Ok(names);
+        }
+        let path = self.path(alloc, prefix)?;
         let entries = match fs::read_dir(&self.rt, path.as_str()) {
             Ok(entries) => entries,
             Err(e) if is_absent(&e) => return Ok(names),
@@ -235,6 +262,21 @@ impl<R: Log + Files + AllocGlobal> System<'_, R> {
             Err(e) if is_absent(&e) => Ok(Kind::Neither),
             Err(e) => Err(unread(alloc, path.as_str(), &e)?),
         }
+    }
+
+    // Looks at these names from the first on, to the first that is no folder.
+    fn look_along(&mut self, alloc: Global, names: &str) -> Result<(), FolderFault>
+        ensures err { IfErr result (IsFaultOfFolder true) }
+    {
+        let mut way = String::new(alloc);
+        for name in names.split('/') {
+            way.push_str(name)?;
+            match self.kind(alloc, way.as_str())? {
+                Kind::Folder => way.push('/')?,
+                Kind::File | Kind::Neither => return Ok(()),
+            }
+        }
+        Ok(())
     }
 
     // What a link leads to.
